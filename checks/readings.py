@@ -22,16 +22,13 @@ ENVELOPES = (re.compile(r"\benvelope_in\(|\bfrom_bytes::<Envelope>\("), "it_dsse
     # a verification: each link, the layout, each line of the provenance
     "crates/it_chain/src/held_file.rt": 1,
     "crates/it_verify/src/documents.rt": 1,
-    "crates/it_verify/src/provenance.rt": 1,
+    "crates/it_prov/src/provenance_lines.rt": 1,
     # what has so many braces that its signatures are counted
     "crates/it_limits/src/signatures.rt": 1,
-    # what stands behind an accepted delivery, for the full report alone
-    "crates/it_file_evidence/src/lines.rt": 1,
     # notes on the record of an inspection
     "crates/it_notes/src/inspections.rt": 1,
-    # notes on lines of the provenance
+    # notes on a provenance none of whose lines is an envelope: all of it as one
     "crates/it_prov_notes/src/laid_out.rt": 1,
-    "crates/it_prov_notes/src/line.rt": 1,
     # other commands
     "crates/it_check/src/documents.rt": 1,
     "crates/it_check/src/part_notes.rt": 1,

@@ -4,7 +4,7 @@ ghost use Rattle.it_base.specs.Document.{OfDocument};
 ghost use Rattle.it_base.specs.Parts.{IsPart};
 ghost use Rattle.it_base.specs.Text.{IsText};
 ghost use Rattle.it_docs.specs.Layout.{LayoutOf};
-ghost use Rattle.it_verify.specs.Made.{IsMadeBy};
+ghost use Rattle.it_verify.specs.Grounds.{AreGrounds};
 ghost use Rattle.it_evidence.specs.Evidence.{IsBehind};
 
 use it_base::sequence::Sequence;
@@ -36,13 +36,13 @@ pub fn evidence_of<C: Checks>(
     checks: &C,
     vouched: &[Vouched],
 ) -> Result<Evidence, AllocError>
-    requires { IsMadeBy (C.panel checks.now) inputs.now grounds.now.documents grounds.now.evidence }
+    requires { AreGrounds (C.panel checks.now) inputs.now grounds.now }
     ensures { IfOk result (IsBehind (C.panel checks.now) vouched.now inputs.now) }
 {
     let documents = &grounds.documents;
     let expires = expires_of(alloc, documents)?;
     let steps = step_evidence(alloc, &documents.layout, &inputs.links, checks)?;
-    let files = file_evidence(alloc, inputs, documents, checks, vouched)?;
+    let files = file_evidence(alloc, grounds, checks, vouched)?;
     Ok(Evidence {
         moment: Text::copy(alloc, inputs.moment.as_str())?,
         policy: Sha256::digest(inputs.policy.as_slice()),

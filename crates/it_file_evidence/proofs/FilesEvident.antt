@@ -21,9 +21,9 @@ use Rattle.it_verify.specs.Provenance.{HasProvenance}
 use Rattle.it_verify.specs.declared.inputs.Inputs.{Inputs}
 use Rattle.it_vouched.specs.declared.vouched.Vouched.{Vouched}
 use Rattle.it_file_evidence.specs.FileEvidence.{AreFileEvidence, IsFileEvidence}
-use Rattle.it_file_evidence.specs.inside.Lines.{AreReadFrom}
+use Rattle.it_prov.specs.ProvenanceLines.{AreReadFrom}
 use Rattle.it_file_evidence.specs.inside.Proven.{AreEvidence, IsEvidenceOrNone, IsProven}
-use Rattle.it_file_evidence.proofs.ReadLines.{line_of, read_of}
+use Rattle.it_verify.proofs.Lines.{line_of, read_of}
 
 abbrev File : Type 0
 File = List ℕ × DigestSet

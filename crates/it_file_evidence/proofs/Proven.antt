@@ -30,7 +30,7 @@ use Rattle.it_json_report.specs.declared.evidence.Signer.{Signer}
 use Rattle.it_vouched.specs.declared.vouched.Vouched.{Vouched}
 use Rattle.it_file_evidence.specs.FileEvidence.{IsFileEvidence, IsFirstLine}
 use Rattle.it_file_evidence.specs.Signer.{signer_among}
-use Rattle.it_file_evidence.specs.inside.Lines.{AreReadFrom}
+use Rattle.it_prov.specs.ProvenanceLines.{AreReadFrom}
 use Rattle.it_file_evidence.specs.inside.Proven.{IsProven, builder_named}
 use Rattle.it_file_evidence.proofs.ReadLines.{read_at}
 

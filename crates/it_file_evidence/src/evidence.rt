@@ -4,29 +4,27 @@ ghost use Rattle.std.specs.FinMap.{entries};
 ghost use Rattle.std.specs.List.{AllZip};
 ghost use Rattle.it_digest.specs.Sums.{lines_of};
 ghost use Rattle.it_prov.specs.Held.{AreHeld};
-ghost use Rattle.it_verify.specs.declared.evidence.Evidence.{Evidence};
-ghost use Rattle.it_verify.specs.Made.{IsMadeBy};
+ghost use Rattle.it_prov.specs.ProvenanceLines.{AreLinesOf, AreReadFrom};
+ghost use Rattle.it_verify.specs.Grounds.{AreGrounds};
+ghost use Rattle.it_verify.specs.declared.inputs.Inputs.{Inputs};
 ghost use Rattle.it_file_evidence.specs.FileEvidence.{AreFileEvidence, IsFileEvidence};
-ghost use Rattle.it_file_evidence.specs.inside.Lines.{AreReadFrom};
 ghost use Rattle.it_file_evidence.specs.inside.Proven.{AreEvidence};
 
 use crate::evidence_of::evidence_of;
 use crate::known_lines::KnownLines;
-use crate::lines::read_lines;
 use it_base::optional::push_some;
 use it_digest::artifacts::Artifacts;
 use it_dsse::checks::Checks;
 use it_json_report::evidence::FileEvidence;
 use it_prov::asked_builders::AskedBuilders;
 use it_prov::attestations::Attestations;
-use it_verify::documents::Documents;
-use it_verify::inputs::Inputs;
+use it_verify::grounds::Grounds;
 use it_vouched::Vouched;
 use std::alloc::{AllocError, Global};
 
 /// What stands for each delivered file of a verification that has provenance (SLSA v1.0, verifying
 /// artifacts), in the order of the bytes of the paths: for every delivered file where the delivery
-/// is accepted. The `documents` are what the `inputs` read as.
+/// is accepted. The `grounds` hold what the inputs read as, and the lines of their provenance.
 ///
 /// The line is the first of the provenance, from 1, that meets the expectation which speaks of the
 /// file. The builder is the one that the provenance in this line names. The level is the greatest
@@ -39,20 +37,21 @@ use std::alloc::{AllocError, Global};
 /// `AllocError` where memory was refused, or where the checks refuse to check more signatures.
 pub fn file_evidence<C: Checks>(
     alloc: Global,
-    inputs: &Inputs,
-    documents: &Documents,
+    grounds: &Grounds,
     checks: &C,
     vouched: &[Vouched],
 ) -> Result<Vec<FileEvidence>, AllocError>
-    ensures files { IfOk result (λ found. AreFileEvidence (C.panel checks.now) vouched.now
-        inputs.now documents.now found.items) }
-    ensures made { (evidence : Evidence)
-        → IsMadeBy (C.panel checks.now) inputs.now documents.now evidence
+    requires { (provenance : List ℕ) × AreLinesOf provenance grounds.now.lines }
+    ensures files { (inputs : Inputs) → AreLinesOf inputs.provenance grounds.now.lines
+        → IfOk result (λ found. AreFileEvidence (C.panel checks.now) vouched.now inputs
+        grounds.now.documents found.items) }
+    ensures made { (inputs : Inputs) → AreGrounds (C.panel checks.now) inputs grounds.now
         → IfOk result (λ found. AllZip (IsFileEvidence (C.panel checks.now) vouched.now
-        (lines_of inputs.now.provenance) documents.now.policy.expectations)
-        (entries documents.now.delivered) found.items) }
+        (lines_of inputs.provenance) grounds.now.documents.policy.expectations)
+        (entries grounds.now.documents.delivered) found.items) }
 {
-    let read = read_lines(alloc, inputs.provenance.as_slice())?;
+    let documents = &grounds.documents;
+    let read = &grounds.lines;
     let asked = AskedBuilders::of(alloc, documents.policy.expectations.as_slice())?;
     let attestations = Attestations::of(alloc, read.envelopes.as_slice(), &asked, checks)?;
     let lines = KnownLines {

@@ -1,7 +1,7 @@
 //! What stands for one delivered file.
 ghost use Rattle.std.specs.Prelude.{◌≡◌, IfOk, List, length, ℕ};
 ghost use Rattle.it_prov.specs.Held.{AreHeld};
-ghost use Rattle.it_file_evidence.specs.inside.Lines.{AreReadFrom};
+ghost use Rattle.it_prov.specs.ProvenanceLines.{AreReadFrom};
 ghost use Rattle.it_file_evidence.specs.inside.Proven.{IsEvidenceOrNone};
 
 use crate::found::{builder_in, index_found};

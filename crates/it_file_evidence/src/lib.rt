@@ -8,7 +8,6 @@ mod found;
 mod known_lines;
 pub mod laws;
 mod levels;
-mod lines;
 mod signer;
 
 pub use evidence::file_evidence;

@@ -1,11 +1,11 @@
 //! What the verification read and found, from which the notes are made.
-ghost use Rattle.std.specs.Prelude.{IfOk, IfSome};
+ghost use Rattle.std.specs.Prelude.{◌≡◌, IfOk, IfSome};
 ghost use Rattle.it_dsse.specs.Panel.{Panel};
 ghost use Rattle.it_report.specs.declared.refusal.Fault.{Fault};
 ghost use Rattle.it_verify.specs.Grounds.{IsBefore, IsFound};
 ghost use Rattle.it_verify.specs.Made.{IsMadeBy};
 ghost use Rattle.it_member_notes.specs.MemberNotes.{TellsPolicyMembers};
-ghost use Rattle.it_notes.specs.Known.{IsBasis, IsKnown, IsTold};
+ghost use Rattle.it_notes.specs.Known.{IsBasis, IsKnown, IsTold, LinesAreKnown};
 ghost use Rattle.it_notes.specs.FoundInDocuments.{AreFoundInDocuments};
 
 use crate::fault_level::FaultLevel;
@@ -14,6 +14,7 @@ use it_digest::artifacts::Artifacts;
 use it_docs::policy::Policy;
 use it_member_notes::member_notes::MemberNotes;
 use it_member_notes::policy_notes;
+use it_prov::provenance_lines::ProvenanceLines;
 use it_report::verdict::Verdict;
 use it_step_notes::signed_layout::SignedLayout;
 use it_verify::documents::Documents;
@@ -35,6 +36,9 @@ pub struct Known<'a> {
     pub delivered: Artifacts,
     /// The outermost layout.
     pub top: FaultLevel<'a>,
+    /// The lines of the provenance that are envelopes, or `None` where something before the
+    /// provenance was refused.
+    pub lines: Option<ProvenanceLines>,
 }
 
 /// What notes are made from, beside the inputs themselves.
@@ -84,6 +88,7 @@ pub fn made_told(
     let found = Found {
         documents: grounds.documents,
         steps: None,
+        lines: None,
     };
     Ok(Told {
         verdict,
@@ -103,8 +108,10 @@ pub fn noted_on(alloc: Global, opened: &Opened<'_>) -> Option<MemberNotes>
 
 /// What was read and found before a refusal of the inputs.
 pub fn basis_of(inputs: &Inputs, before: Before) -> Basis<'_>
-    ensures { (panel : Panel) (fault : Fault) → IsBefore panel inputs.now fault before
+    ensures basis { (panel : Panel) (fault : Fault) → IsBefore panel inputs.now fault before
         → IsBasis panel inputs.now result }
+    ensures lines { (panel : Panel) (fault : Fault) → IsBefore panel inputs.now fault before
+        → LinesAreKnown fault result }
 {
     match before {
         Before::Nothing => Basis::Nothing,
@@ -115,9 +122,15 @@ pub fn basis_of(inputs: &Inputs, before: Before) -> Basis<'_>
 
 /// What was found, over the links.
 fn known_in(inputs: &Inputs, found: Found) -> Known<'_>
-    ensures { (panel : Panel) → IsFound panel inputs.now found → IsKnown panel inputs.now result }
+    ensures known { (panel : Panel) → IsFound panel inputs.now found
+        → IsKnown panel inputs.now result }
+    ensures lines { result.lines ≡ found.lines }
 {
-    let Found { documents, steps } = found;
+    let Found {
+        documents,
+        steps,
+        lines,
+    } = found;
     let Documents {
         policy,
         delivered,
@@ -139,5 +152,6 @@ fn known_in(inputs: &Inputs, found: Found) -> Known<'_>
             moment,
             steps,
         },
+        lines,
     }
 }

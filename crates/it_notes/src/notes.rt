@@ -4,7 +4,7 @@ ghost use Rattle.it_dsse.specs.Panel.{Panel};
 ghost use Rattle.it_verify.specs.declared.inputs.Inputs.{Inputs};
 ghost use Rattle.it_member_notes.specs.MemberNotes.{TellsPolicyMembers};
 ghost use Rattle.it_notes.specs.KeyNotes.{TellsKeys};
-ghost use Rattle.it_notes.specs.Known.{IsBasis, IsTold};
+ghost use Rattle.it_notes.specs.Known.{IsBasis, IsTold, LinesAreTold};
 ghost use Rattle.it_notes.specs.Notes.{AreTrue, TellsLayout, TellsVerdict, TellsWhere};
 
 use crate::file_detail::DetailedNote;
@@ -153,7 +153,8 @@ fn told_refusal<C: Checks>(
     told: &Told,
     checks: &C,
 ) -> Result<RefusalNotes, AllocError>
-    requires { IsBasis (C.panel checks.now) inputs.now told.now.basis }
+    requires basis { IsBasis (C.panel checks.now) inputs.now told.now.basis }
+    requires lines { LinesAreTold told.now.verdict told.now.basis }
     ensures { IfOk result (TellsVerdict (C.panel checks.now) inputs.now told.now.verdict) }
 {
     match &told.verdict {

@@ -1,7 +1,8 @@
 //! Why a delivered file has no provenance.
 ghost use Rattle.std.specs.Bool.{OnTrue};
-ghost use Rattle.std.specs.Prelude.{IfOk, IfSome, Option, ℕ};
+ghost use Rattle.std.specs.Prelude.{IfOk, IfSome, IsSome, Option, ℕ};
 ghost use Rattle.it_prov.specs.Fits.{Fits};
+ghost use Rattle.it_prov.specs.ProvenanceLines.{AreLinesOf};
 ghost use Rattle.it_prov_notes.specs.LaidOut.{IsLaidOut};
 ghost use Rattle.it_report.specs.declared.refusal.Fault.TheVariants.{NoProvenance};
 ghost use Rattle.it_notes.specs.Known.{IsKnown};
@@ -13,6 +14,7 @@ use crate::room::Room;
 use it_docs::policy::Expectation;
 use it_dsse::checks::Checks;
 use it_prov::fits::fitting;
+use it_prov::provenance_lines::ProvenanceLines;
 use it_prov_notes::delivery::Delivery;
 use it_prov_notes::{is_laid_out, missing_notes};
 use std::alloc::{AllocError, Global};
@@ -25,7 +27,8 @@ pub(crate) fn provenance_told<C: Checks>(
     path: &str,
     checks: &C,
 ) -> Result<RefusalNotes, AllocError>
-    requires { IsKnown (C.panel checks.now) known.now.inputs.now known.now }
+    requires known { IsKnown (C.panel checks.now) known.now.inputs.now known.now }
+    requires lines { IsSome known.now.lines }
     ensures { IfOk result (λ told. (best : Option ℕ) → TellsInputs
         (C.panel checks.now) known.now.inputs.now (NoProvenance path.now best) told) }
 {
@@ -33,7 +36,10 @@ pub(crate) fn provenance_told<C: Checks>(
     if provenance.is_empty() {
         return Ok(RefusalNotes::EmptyProvenance);
     }
-    if is_short_envelope(alloc, provenance)? {
+    let Some(lines) = &known.lines else {
+        unreachable!();
+    };
+    if is_short_envelope(alloc, provenance, lines)? {
         return Ok(RefusalNotes::LaidOut);
     }
     let Some(digests) = known.delivered.get(path) else {
@@ -46,6 +52,7 @@ pub(crate) fn provenance_told<C: Checks>(
         digests,
         expectation,
         provenance,
+        lines,
     };
     let notes = missing_notes(alloc, &delivery, checks)?;
     Ok(RefusalNotes::Provenance(notes))
@@ -53,13 +60,18 @@ pub(crate) fn provenance_told<C: Checks>(
 
 /// Whether the provenance as a whole is one envelope over several lines, and is not too large to be
 /// looked at as a whole.
-fn is_short_envelope(alloc: Global, provenance: &[u8]) -> Result<bool, AllocError>
+fn is_short_envelope(
+    alloc: Global,
+    provenance: &[u8],
+    lines: &ProvenanceLines,
+) -> Result<bool, AllocError>
+    requires { AreLinesOf provenance.now lines.now }
     ensures { IfOk result (λ is. OnTrue is (IsLaidOut provenance.now)) }
 {
     if !Room::new().takes(provenance.len()) {
         return Ok(false);
     }
-    is_laid_out(alloc, provenance)
+    is_laid_out(alloc, provenance, lines)
 }
 
 /// The expectation that speaks of the file at a path.

@@ -1,9 +1,9 @@
 //! Why a delivery was refused.
 ghost use Rattle.std.specs.Prelude.{IfOk};
 ghost use Rattle.it_dsse.specs.Panel.{Panel};
-ghost use Rattle.it_verify.specs.Grounds.{IsBegun};
+ghost use Rattle.it_verify.specs.Grounds.{HasLines, IsBegun};
 ghost use Rattle.it_verify.specs.declared.inputs.Inputs.{Inputs};
-ghost use Rattle.it_notes.specs.Known.{IsBasis, IsKnown};
+ghost use Rattle.it_notes.specs.Known.{IsBasis, IsKnown, LinesAreKnown};
 ghost use Rattle.it_notes.specs.RefusalNotes.{Tells, TellsInputs};
 
 use crate::bad_parts::{layout_told, line_told, moment_told, no_line_told, policy_told};
@@ -30,7 +30,8 @@ pub(crate) fn refusal_notes<C: Checks>(
     refusal: &Refusal,
     checks: &C,
 ) -> Result<RefusalNotes, AllocError>
-    requires { IsBasis (C.panel checks.now) inputs.now basis.now }
+    requires basis { IsBasis (C.panel checks.now) inputs.now basis.now }
+    requires lines { LinesAreKnown refusal.now.fault basis.now }
     ensures { IfOk result (Tells (C.panel checks.now) inputs.now refusal.now) }
 {
     match basis {
@@ -47,7 +48,8 @@ fn known_notes<C: Checks>(
     refusal: &Refusal,
     checks: &C,
 ) -> Result<RefusalNotes, AllocError>
-    requires { IsKnown (C.panel checks.now) known.now.inputs.now known.now }
+    requires known { IsKnown (C.panel checks.now) known.now.inputs.now known.now }
+    requires lines { HasLines refusal.now.fault known.now.lines }
     ensures { IfOk result (Tells (C.panel checks.now) known.now.inputs.now refusal.now) }
 {
     match &refusal.fault {

@@ -17,6 +17,7 @@ pub mod OneFit
 pub mod ParametersSettled
 pub mod Places
 pub mod Possible
+pub mod ReadLines
 pub mod SameKeys
 pub mod Saying
 pub mod Searching

@@ -8,4 +8,5 @@ pub mod Held
 pub mod Ignored
 pub mod Index
 pub mod Meets
+pub mod ProvenanceLines
 pub mod inside

@@ -1,6 +1,9 @@
--- Whether some line is such, line by line.
-use Rattle.std.proofs.Common.{◌≡◌, ◌↔◌, ℕ, zero, suc, Bool, true, false, List, ◌∷◌, Any, arith}
-use Rattle.it_digest.specs.Sums.{lines_of}
+-- Whether some line is an envelope, by the envelopes that were read.
+use Rattle.std.proofs.Common.{◌≡◌, ◌∙◌, ◌≢◌, ℕ, zero, suc, List, [], ◌∷◌, Any, ⊎_elim, arith, refl}
+use Rattle.std.proofs.Common.{sym}
+use Rattle.it_dsse.specs.declared.envelope.Envelope.{Envelope}
+use Rattle.it_prov.specs.ProvenanceLines.{AreReadFrom}
+use Rattle.it_prov_notes.specs.LaidOut.{IsAnEnvelope}
 
 module _ (P : List ℕ → Type 0) where
   any_later : (line : List ℕ) (lines : List (List ℕ)) → Any P lines → Any P (line ∷ lines)
@@ -11,15 +14,20 @@ module _ (P : List ℕ → Type 0) where
   any_of_rest line lines none (zero, x, below, at, p) = absurd (none (rw at p))
   any_of_rest line lines none (suc k, x, below, at, p) = (k, x, omega (arith, below), at, p)
 
-  -- where the next line is not such
-  pub any_after : (bytes rest line after : List ℕ)
-      → Any P (lines_of rest) ↔ Any P (lines_of bytes) → lines_of rest ≡ line ∷ lines_of after
-      → ¬ P line → Any P (lines_of after) ↔ Any P (lines_of bytes)
-  any_after bytes rest line after so_far next none = (
-    λ a. so_far.0 (rw next (any_later line (lines_of after) a)),
-    λ a. any_of_rest line (lines_of after) none (rw next at (so_far.1 a)),
-  )
+-- no envelope was read
+pub none_read : (first : ℕ) (lines : List (List ℕ)) (envelopes : List Envelope) (places : List ℕ)
+    → AreReadFrom first lines envelopes places → envelopes ≡ [] → ¬ Any IsAnEnvelope lines
+none_read first [] envelopes places are none (k, x, below, at, p) = absurd (omega (arith, below))
+none_read first (line ∷ lines) envelopes places are none any = ⊎_elim
+    (λ x. let never : [] ≡ x.0 ∷ x.1 = sym none ∙ x.4 in cc)
+    (λ x. none_read (suc first) lines envelopes places x.1 none
+    (any_of_rest IsAnEnvelope line lines (λ is. x.0 is.0 is.1) any)) are
 
--- what is found nowhere is not so
-pub not_so : (b : Bool) (P : Type 0) → (P → b ≡ true) → b ≡ false → ¬ P
-not_so b P found fails p = let finds = found p in absurd (cc)
+-- some envelope was
+pub some_read : (first : ℕ) (lines : List (List ℕ)) (envelopes : List Envelope) (places : List ℕ)
+    → AreReadFrom first lines envelopes places → envelopes ≢ [] → Any IsAnEnvelope lines
+some_read first [] envelopes places are some = absurd (some are.0)
+some_read first (line ∷ lines) envelopes places are some = ⊎_elim
+    (λ x. (0, line, omega arith, refl, (x.0, x.3)))
+    (λ x. any_later IsAnEnvelope line lines
+    (some_read (suc first) lines envelopes places x.1 some)) are

@@ -4,5 +4,6 @@ pub mod HintedKeys
 pub mod Inside
 pub mod LaidOut
 pub mod Levels
+pub mod NextLine
 pub mod Speaking
 pub mod WhoSigned

@@ -9,6 +9,7 @@ mod envelope;
 mod hinted;
 mod laid_out;
 mod line;
+mod lines_left;
 pub mod note;
 mod notes;
 mod parameters;

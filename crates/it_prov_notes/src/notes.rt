@@ -1,9 +1,11 @@
 //! The notes on the lines of the provenance.
 ghost use Rattle.std.specs.Prelude.{All, IfOk};
+ghost use Rattle.it_prov.specs.ProvenanceLines.{AreLinesOf};
 ghost use Rattle.it_prov_notes.specs.ProvenanceNotes.{Holds};
 
 use crate::delivery::Delivery;
-use crate::line::line_misses;
+use crate::line::{Line, line_misses};
+use crate::lines_left::LinesLeft;
 use crate::note::ProvenanceNote;
 use crate::room::Room;
 use it_digest::sums::split_line;
@@ -33,6 +35,7 @@ pub fn missing_notes<C: Checks>(
     delivery: &Delivery<'_>,
     checks: &C,
 ) -> Result<Vec<ProvenanceNote>, AllocError>
+    requires { AreLinesOf delivery.now.provenance.now delivery.now.lines.now }
     ensures { IfOk result (λ notes. All (Holds (C.panel checks.now)
         delivery.now.expectation.now delivery.now.digests delivery.now.provenance.now)
         notes.items) }
@@ -40,11 +43,16 @@ pub fn missing_notes<C: Checks>(
     let mut notes = Vec::new(alloc);
     let mut room = Room::new();
     let mut rest = delivery.provenance;
+    let mut left = LinesLeft::of(delivery.lines);
     let mut number = 0;
     while !rest.is_empty() {
-        let (line, after) = split_line(rest);
+        let (bytes, after) = split_line(rest);
         number += 1;
-        if let Some(shortfall) = line_misses(alloc, line, delivery, checks, &mut room)? {
+        let line = Line {
+            bytes,
+            envelope: left.next_at(number),
+        };
+        if let Some(shortfall) = line_misses(alloc, &line, delivery, checks, &mut room)? {
             notes.push(ProvenanceNote {
                 line: number,
                 shortfall,

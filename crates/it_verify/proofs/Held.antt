@@ -16,6 +16,7 @@ use Rattle.it_verify.specs.inside.DocumentsHold.{DocumentsHold}
 use Rattle.it_verify.specs.inside.Evidence.{IsUngathered, held_by}
 use Rattle.it_verify.specs.declared.evidence.Ungathered.{Ungathered}
 use Rattle.it_verify.specs.declared.inputs.Inputs.{Inputs}
+use Rattle.it_verify.proofs.BeforeLines.{chain_earlier}
 use Rattle.it_verify.proofs.Verified.{links_fail}
 
 module _ (judged : ChainOf) (P : List StepResult → Type 0) where
@@ -50,6 +51,7 @@ module _ (panel : Panel) (inputs : Inputs) (documents : Documents)
   stopped_by None first records = tt
   stopped_by (Some refusal) first records = record {
     fails = links_fail panel inputs documents hold (chain.Refused refusal) first;
+    before_lines = chain_earlier (chain.Refused refusal);
     steps = records;
   }
 

@@ -4,28 +4,26 @@ use Rattle.std.proofs.Common.{sym, ap, subst}
 use Rattle.std.specs.FinMap.{entries, get}
 use Rattle.std.specs.List.{AllByRecursion}
 use Rattle.std.proofs.lemmas.List.Elements.{All-contains, All-from_recursion}
-use Rattle.it_base.proofs.Members.{in_cases, in_head, in_none, in_tail}
 use Rattle.it_base.specs.Places.{IsFirst, NoneAt}
 use Rattle.it_base.proofs.Firsts.{first_alike}
 use Rattle.it_digest.specs.Artifacts.{ArtifactMap}
 use Rattle.it_digest.specs.Sums.{lines_of}
 use Rattle.it_digest.specs.declared.compare.DigestSet.{DigestSet}
 use Rattle.it_dsse.specs.Panel.{Panel}
-use Rattle.it_dsse.specs.Envelope.{EnvelopeOf}
 use Rattle.it_dsse.specs.declared.envelope.Envelope.{Envelope}
 use Rattle.it_docs.specs.declared.policy.Expectation.{Expectation}
 use Rattle.it_rules.proofs.Listed.{Contains-from_place}
-use Rattle.it_chain.proofs.Documents.{envelope_same}
 use Rattle.it_chain.proofs.Entries.{known_entry}
 use Rattle.it_prov.specs.Best.{IsBest, MeetsAtLevel}
 use Rattle.it_prov.specs.Finding.{IsMissing}
 use Rattle.it_prov.specs.Meets.{Meets}
+use Rattle.it_prov.specs.ProvenanceLines.{AreReadFrom}
 use Rattle.it_prov.proofs.Greatest.{greatest_alike}
 use Rattle.it_prov.proofs.OneFit.{fits_one}
 use Rattle.it_verify.specs.Provenance.{IsProvenanceLine, FileFails}
 use Rattle.it_verify.specs.Refusals.{whole}
 use Rattle.it_verify.specs.VerificationTakes.{FileTakes}
-use Rattle.it_verify.specs.inside.Provenance.{AreRead, FileAsks, FileLacks, FileProven}
+use Rattle.it_verify.specs.inside.Provenance.{FileAsks, FileLacks, FileProven}
 use Rattle.it_verify.specs.Provenance.{HasProvenance}
 use Rattle.it_verify.specs.inside.Failures.{RefusedAs}
 use Rattle.it_verify.specs.declared.failure.Failure.{Failure}
@@ -34,6 +32,7 @@ use Rattle.it_verify.specs.declared.inputs.Inputs.{Inputs}
 use Rattle.it_report.specs.declared.refusal.Fault.TheVariants.{NoProvenance}
 use Rattle.it_report.specs.declared.refusal.Refusal.{Refusal}
 use Rattle.it_verify.proofs.Failures.{fails_at}
+use Rattle.it_verify.proofs.Lines.{line_of, read_of}
 
 -- ---- among envelopes
 module _ (panel : Panel) (expectations : List Expectation) (envelopes : List Envelope) where
@@ -82,42 +81,11 @@ module _ (panel : Panel) (expectations : List Expectation) (envelopes : List Env
       (sym all) (fails_at Lacks done file rest e (none_lacks done proven) lacks)
 
 -- ---- envelopes and lines
--- a line that reads as an envelope among those that are read
-line_of : (lines : List (List ℕ)) (envelopes : List Envelope) → AreRead lines envelopes
-    → (envelope : Envelope) → Contains envelopes envelope → (line : List ℕ) × Contains lines line
-    × EnvelopeOf line envelope
-line_of [] envelopes are envelope c =
-    absurd (in_none envelope (subst (λ es. Contains es envelope) are c))
-line_of (line ∷ lines) envelopes are envelope c =
-    let later : (rest : List Envelope) → AreRead lines rest → Contains rest envelope → (l : List ℕ)
-    × Contains (line ∷ lines) l × EnvelopeOf l envelope =
-    λ rest some d. let found = line_of lines rest some envelope d in
-    (found.0, in_tail line lines found.0 found.1, found.2) in
-    ⊎_elim (λ x. ⊎_elim (λ same. (line, in_head line lines, subst (EnvelopeOf line) same x.2))
-    (later x.1 x.4) (in_cases x.0 x.1 envelope (subst (λ es. Contains es envelope) x.3 c)))
-    (λ x. later envelopes x.1 c) are
-
--- the envelope that a line reads as is among those that are read
-read_of : (lines : List (List ℕ)) (envelopes : List Envelope) → AreRead lines envelopes
-    → (envelope : Envelope) (line : List ℕ) → Contains lines line → EnvelopeOf line envelope
-    → Contains envelopes envelope
-read_of [] envelopes are envelope line c reads = absurd (in_none line c)
-read_of (first ∷ lines) envelopes are envelope line c reads =
-    let later : (rest : List Envelope) → AreRead lines rest → Contains lines line
-    → Contains rest envelope = λ rest some d. read_of lines rest some envelope line d reads in
-    ⊎_elim (λ x. subst (λ es. Contains es envelope) (sym x.3)
-    (⊎_elim (λ same. subst (Contains (x.0 ∷ x.1))
-    (envelope_same line x.0 envelope (subst (λ l. EnvelopeOf l x.0) same x.2) reads)
-    (in_head x.0 x.1)) (λ d. in_tail x.0 x.1 envelope (later x.1 x.4 d))
-    (in_cases first lines line c)))
-    (λ x. ⊎_elim (λ same. absurd
-    (x.0 envelope (subst (λ l. EnvelopeOf l envelope) (sym same) reads))) (later envelopes x.1)
-    (in_cases first lines line c)) are
-
 module _ (panel : Panel) (inputs : Inputs) (expectations : List Expectation)
-    (envelopes : List Envelope) (are : AreRead (lines_of inputs.provenance) envelopes) where
+    (envelopes : List Envelope) (places : List ℕ)
+    (are : AreReadFrom 1 (lines_of inputs.provenance) envelopes places) where
   is_line : (envelope : Envelope) → Contains envelopes envelope → IsProvenanceLine inputs envelope
-  is_line envelope c = let found = line_of (lines_of inputs.provenance) envelopes are envelope c in
+  is_line envelope c = let found = line_of 1 (lines_of inputs.provenance) envelopes places are envelope c in
       record { line = found.0; stands = found.1; reads = found.2 }
 
   has_provenance : (file : List ℕ × DigestSet) → FileProven panel expectations envelopes file
@@ -148,7 +116,7 @@ module _ (panel : Panel) (inputs : Inputs) (expectations : List Expectation)
 
   -- an envelope is among those that are read just where it is a line
   is_read : (envelope : Envelope) → IsProvenanceLine inputs envelope → Contains envelopes envelope
-  is_read envelope is = read_of (lines_of inputs.provenance) envelopes are envelope is.line
+  is_read envelope is = read_of 1 (lines_of inputs.provenance) envelopes places are is.line envelope
       is.stands is.reads
 
   abbrev HasLevel : (Envelope → Type 0) → Expectation → DigestSet → ℕ → Type 0

@@ -1,5 +1,5 @@
 -- What a verification comes to, from what each of its parts comes to.
-use Rattle.std.proofs.Common.{◌≡◌, List, [], ◌∷◌, ◌++◌, flat_map, zip, Result, Ok, Err, MatchResult}
+use Rattle.std.proofs.Common.{◌≡◌, ℕ, List, [], ◌∷◌, ◌++◌, flat_map, zip}
 use Rattle.std.proofs.Common.{refl, sym, subst}
 use Rattle.std.specs.FinMap.{entries}
 use Rattle.std.specs.List.{AllByRecursion, AllZip}
@@ -16,6 +16,7 @@ use Rattle.it_chain.specs.declared.chain.StepResult.{StepResult}
 use Rattle.it_chain.specs.declared.refusal.ChainError.{ChainError}
 use Rattle.it_chain.specs.declared.refusal.ChainError.TheVariants as chain
 use Rattle.it_chain.specs.declared.refusal.ChainRefusal.{ChainRefusal}
+use Rattle.it_prov.specs.ProvenanceLines.{AreReadFrom}
 use Rattle.it_verify.specs.Documents.{Documents, setting_of}
 use Rattle.it_verify.specs.Inspections.{InspectionFails, RecordFails, sides_of}
 use Rattle.it_verify.specs.Refusals.{refusal_of}
@@ -23,7 +24,7 @@ use Rattle.it_verify.specs.RefusedFor.{RefusedFor, Stage, FailsAt, at_deliver, a
 use Rattle.it_verify.specs.RefusedFor.{at_links, at_provenance, at_records}
 use Rattle.it_verify.specs.Delivered.{DeliverFails}
 use Rattle.it_verify.specs.inside.Failures.{failure_of}
-use Rattle.it_verify.specs.inside.Provenance.{AreRead, FileLacks, FileProven}
+use Rattle.it_verify.specs.inside.Provenance.{FileLacks, FileProven}
 use Rattle.it_verify.specs.Delivered.{delivery}
 use Rattle.it_verify.specs.Evidence.{Evidence, IsEvidence, evidence_links}
 use Rattle.it_verify.specs.Inspections.{HasRecorded, InspectionRulesHold}
@@ -131,52 +132,42 @@ module _ (panel : Panel) (inputs : Inputs) (documents : Documents)
 
       module _ (deliver : RulesHold documents.policy.deliver Products (delivery documents.delivered)
           (evidence_links evidence)) (envelopes : List Envelope)
-          (are : AreRead (lines_of inputs.provenance) envelopes) where
-        -- ---- provenance
-        -- those hold too, and a file lacks provenance
-        provenance_fails : (e : Failure)
-            → RefusedAs (IsFirst (FileLacks panel documents.policy.expectations envelopes)
-            (entries documents.delivered)) e → Fails e
-        provenance_fails e fails =
-            fails_at At (evidence_places ++ at_inspections ∷ at_deliver ∷ []) at_provenance [] e
-            (none_append At evidence_places (at_inspections ∷ at_deliver ∷ []) gathered (
-              clear_inspections panel inputs documents hold.read evidence is_evidence
-                  inspection_rules,
-              (clear_deliver panel inputs documents hold.read evidence is_evidence deliver, tt),
-            ))
-            (refused_weaker (IsFirst (FileLacks panel documents.policy.expectations envelopes)
-            (entries documents.delivered)) (At at_provenance) e
-            (λ r x. (
-              documents,
-              hold.read,
-              first_unproven panel inputs documents.policy.expectations
-                  envelopes are documents.delivered r x,
-            )) fails)
+          (places : List ℕ) (are : AreReadFrom 1 (lines_of inputs.provenance) envelopes places)
+        where
+          -- ---- provenance
+          -- those hold too, and a file lacks provenance
+          pub provenance_fails : (e : Failure)
+              → RefusedAs (IsFirst (FileLacks panel documents.policy.expectations envelopes)
+              (entries documents.delivered)) e → Fails e
+          provenance_fails e fails =
+              fails_at At (evidence_places ++ at_inspections ∷ at_deliver ∷ []) at_provenance [] e
+              (none_append At evidence_places (at_inspections ∷ at_deliver ∷ []) gathered (
+                clear_inspections panel inputs documents hold.read evidence is_evidence
+                    inspection_rules,
+                (clear_deliver panel inputs documents hold.read evidence is_evidence deliver, tt),
+              ))
+              (refused_weaker (IsFirst (FileLacks panel documents.policy.expectations envelopes)
+              (entries documents.delivered)) (At at_provenance) e
+              (λ r x. (
+                documents,
+                hold.read,
+                first_unproven panel inputs documents.policy.expectations
+                    envelopes places are documents.delivered r x,
+              )) fails)
 
-        -- each file has it
-        made_by : AllByRecursion (FileProven panel documents.policy.expectations envelopes)
-            (entries documents.delivered) → IsMadeBy panel inputs documents evidence
-        made_by proven = record {
-          read = hold.read;
-          some_file = hold.some_file;
-          owners = hold.owners;
-          is_evidence = is_evidence;
-          inspection_rules = inspection_rules;
-          deliver_rules = deliver;
-          provenance = all_proven panel inputs documents.policy.expectations envelopes are
-              documents.delivered proven;
-        }
-
-        -- each has it, or one does not
-        pub judged_whole : (a : Result (Unit {0}) Failure)
-            → MatchResult a
-            (λ _. AllByRecursion (FileProven panel documents.policy.expectations envelopes)
-            (entries documents.delivered))
-            (RefusedAs (IsFirst (FileLacks panel documents.policy.expectations envelopes)
-            (entries documents.delivered)))
-            → MatchResult a (λ _. IsMadeBy panel inputs documents evidence) Fails
-        judged_whole (Ok x) h = made_by h
-        judged_whole (Err e) h = provenance_fails e h
+          -- each file has it
+          pub made_by : AllByRecursion (FileProven panel documents.policy.expectations envelopes)
+              (entries documents.delivered) → IsMadeBy panel inputs documents evidence
+          made_by proven = record {
+            read = hold.read;
+            some_file = hold.some_file;
+            owners = hold.owners;
+            is_evidence = is_evidence;
+            inspection_rules = inspection_rules;
+            deliver_rules = deliver;
+            provenance = all_proven panel inputs documents.policy.expectations envelopes places are
+                documents.delivered proven;
+          }
 
 -- ---- the verdict
 module _ (panel : Panel) (inputs : Inputs) where

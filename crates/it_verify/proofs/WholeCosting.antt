@@ -1,5 +1,5 @@
 -- How many checks a verification asks for, from what each of its parts asks for.
-use Rattle.std.proofs.Common.{◌≡◌, ℕ, ◌+◌, ◌≤◌, List, [], ◌∷◌, map, length, Result, Ok, Err, OnOk}
+use Rattle.std.proofs.Common.{◌≡◌, ℕ, ◌+◌, ◌≤◌, List, [], ◌∷◌, map, length}
 use Rattle.std.proofs.Common.{⊎_elim, refl, sym, ap, subst, ◌∙◌, arith}
 use Rattle.std.specs.FinMap.{entries, keys, len, len-entries}
 use Rattle.std.specs.List.{sum_by}
@@ -21,18 +21,18 @@ use Rattle.it_chain.specs.declared.chain.StepResult.{StepResult}
 use Rattle.it_chain.proofs.SomeCost.{some_fewest}
 use Rattle.it_prov.specs.Asked.{AtLeast}
 use Rattle.it_prov.specs.Cost.{signature_count}
+use Rattle.it_prov.specs.ProvenanceLines.{AreReadFrom}
 use Rattle.it_prov.proofs.Asking.{raised_then}
 use Rattle.it_verify.specs.VerificationCost.{VerificationCosts, FilesCost, LinesHave, LinksCost}
 use Rattle.it_verify.specs.VerificationCost.{OwnersCost}
 use Rattle.it_verify.specs.Documents.{Documents, ReadAs, setting_of}
 use Rattle.it_verify.specs.VerificationTakes.{AsksEnough, FileTakes, FilesTake, IsAskedFully}
 use Rattle.it_verify.specs.VerificationTakes.{LinksTake, Takes, fewest, owner_tries}
-use Rattle.it_verify.specs.inside.Provenance.{AreRead, FileAsks}
+use Rattle.it_verify.specs.inside.Provenance.{FileAsks}
 use Rattle.it_verify.specs.inside.Taking.{TakesEnough}
 use Rattle.it_verify.specs.Evidence.{Evidence}
 use Rattle.it_verify.specs.Made.{verdict_of}
 use Rattle.it_verify.specs.inside.DocumentsHold.{DocumentsHold}
-use Rattle.it_verify.specs.declared.failure.Failure.{Failure}
 use Rattle.it_verify.specs.declared.inputs.Inputs.{Inputs}
 use Rattle.it_report.specs.declared.verdict.Verdict.{Verdict}
 use Rattle.it_report.specs.declared.verdict.Verdict.TheVariants.{Accepted, Refused}
@@ -54,14 +54,15 @@ sum_by-map f g (x ∷ xs) = sum_by-cons f (g x) (map g xs) ∙ ap (λ n. f (g x)
 -- ---- at most
 -- the delivered files, over the envelopes that the lines read as
 pub files_cost : (inputs : Inputs) (documents : Documents) (envelopes : List Envelope)
-    → AreRead (lines_of inputs.provenance) envelopes → (old new : Meter)
+    (places : List ℕ) → AreReadFrom 1 (lines_of inputs.provenance) envelopes places
+    → (old new : Meter)
     → ((most : ℕ) → FilesCost documents (signature_count envelopes) most
     → RaisedBy (λ n. n ≤ most) old new)
     → (signatures most : ℕ) → LinesHave inputs signatures → FilesCost documents signatures most
     → RaisedBy (λ n. n ≤ most) old new
-files_cost inputs documents envelopes are old new raised signatures most lines cost =
+files_cost inputs documents envelopes places are old new raised signatures most lines cost =
     raised most (subst (λ n. FilesCost documents n most)
-    (lines_have (lines_of inputs.provenance) envelopes are signatures lines) cost)
+    (lines_have 1 (lines_of inputs.provenance) envelopes places are signatures lines) cost)
 
 module _ (panel : Panel) (inputs : Inputs) (start now : Meter) (owners : (most : ℕ)
     → OwnersCost inputs most → RaisedBy (λ n. n ≤ most) start now) where
@@ -128,19 +129,18 @@ files_each panel inputs expectations (file ∷ files) n h =
 
 -- the delivered files, over the envelopes that the lines read as
 pub files_take : (panel : Panel) (inputs : Inputs) (documents : Documents)
-    (envelopes : List Envelope) → AreRead (lines_of inputs.provenance) envelopes
-    → (old new : Meter) (a : Result (Unit {0}) Failure)
-    → OnOk a (RaisedBy (AtLeast (IsSum (FileAsks panel documents.policy.expectations envelopes)
-    (entries documents.delivered))) old new)
-    → OnOk a (RaisedBy (AtLeast (FilesTake panel inputs documents)) old new)
-files_take panel inputs documents envelopes are old new (Ok x) h =
+    (envelopes : List Envelope) (places : List ℕ)
+    → AreReadFrom 1 (lines_of inputs.provenance) envelopes places → (old new : Meter)
+    → RaisedBy (AtLeast (IsSum (FileAsks panel documents.policy.expectations envelopes)
+    (entries documents.delivered))) old new
+    → RaisedBy (AtLeast (FilesTake panel inputs documents)) old new
+files_take panel inputs documents envelopes places are old new h =
     let asked = h.1 in
     let take = sum_weaker (FileAsks panel documents.policy.expectations envelopes)
     (FileTakes panel inputs documents.policy.expectations)
-    (file_takes panel inputs documents.policy.expectations envelopes are)
+    (file_takes panel inputs documents.policy.expectations envelopes places are)
     (entries documents.delivered) asked.0 asked.1 in
     (h.0, (asked.0, take, asked.2), h.2)
-files_take panel inputs documents envelopes are old new (Err e) h = tt
 
 module _ (panel : Panel) (inputs : Inputs) (documents : Documents)
     (hold : DocumentsHold panel inputs documents) (evidence : Evidence) where

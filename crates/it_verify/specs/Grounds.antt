@@ -1,12 +1,14 @@
 -- What a verification rests on where it accepts, and what it had read or found where it refuses.
-use Rattle.std.specs.Prelude.{IfSome, ⊤}
+use Rattle.std.specs.Prelude.{IfSome, IsSome, Option, ⊤}
 use Rattle.it_dsse.specs.Envelope.{EnvelopeOf}
 use Rattle.it_dsse.specs.Panel.{Panel}
 use Rattle.it_docs.specs.Policy.{PolicyOf}
 use Rattle.it_chain.specs.Judged.{AreStepRecords}
+use Rattle.it_prov.specs.ProvenanceLines.{AreLinesOf}
+use Rattle.it_prov.specs.declared.provenance_lines.ProvenanceLines.{ProvenanceLines}
 use Rattle.it_report.specs.declared.refusal.Fault.{Fault}
-use Rattle.it_report.specs.declared.refusal.Fault.TheVariants.{BadLayout, OwnerMissing}
-use Rattle.it_report.specs.declared.refusal.Fault.TheVariants.{WrongPayloadType}
+use Rattle.it_report.specs.declared.refusal.Fault.TheVariants.{BadLayout, NoProvenance}
+use Rattle.it_report.specs.declared.refusal.Fault.TheVariants.{OwnerMissing, WrongPayloadType}
 use Rattle.it_report.specs.declared.refusal.Refusal.{Refusal}
 use Rattle.it_verify.specs.Documents.{ReadAs, setting_of}
 use Rattle.it_verify.specs.Made.{IsMadeBy}
@@ -16,6 +18,7 @@ use Rattle.it_verify.specs.declared.grounds.Before.{Before}
 use Rattle.it_verify.specs.declared.grounds.Before.TheVariants as had
 use Rattle.it_verify.specs.declared.grounds.Begun.{Begun}
 use Rattle.it_verify.specs.declared.grounds.Found.{Found}
+use Rattle.it_verify.specs.declared.grounds.Grounds.{Grounds}
 use Rattle.it_verify.specs.declared.grounds.Outcome.{Outcome}
 use Rattle.it_verify.specs.declared.grounds.Outcome.TheVariants.{Made, Refused}
 use Rattle.it_verify.specs.declared.inputs.Inputs.{Inputs}
@@ -33,20 +36,27 @@ pub record IsBegun (inputs : Inputs) (begun : Begun) : Type 0 where
   pub policy : PolicyOf inputs.policy begun.policy
   pub envelope : EnvelopeOf inputs.layout begun.envelope
 
+-- where the fault is that a file has no provenance, the lines of the provenance are there
+abbrev pub HasLines : Fault → Option ProvenanceLines → Type 0
+HasLines (NoProvenance path best) lines = IsSome lines
+HasLines fault lines = ⊤
+
 -- the inputs read as these documents, every owner of the policy signed the layout, and these are
--- the records of its steps, where there are any
+-- the records of its steps and the lines of the provenance that are envelopes, where there are any
 pub record IsFound (panel : Panel) (inputs : Inputs) (found : Found) : Type 0 where
   pub read : ReadAs inputs found.documents
   pub owners : OwnersSign panel found.documents.envelope found.documents.policy.owners
   pub steps : IfSome found.steps (AreStepRecords (setting_of panel found.documents) inputs.depth
       found.documents.layout inputs.links)
+  pub lines : IfSome found.lines (AreLinesOf inputs.provenance)
 
 -- this was read and found before a fault (this profile's choice); where nothing was, the fault is
 -- not in what the layout's envelope holds
 abbrev pub IsBefore : Panel → Inputs → Fault → Before → Type 0
 IsBefore panel inputs fault had.Nothing = ¬ IsInEnvelope fault
 IsBefore panel inputs fault (had.Begun begun) = IsBegun inputs begun
-IsBefore panel inputs fault (had.Found found) = IsFound panel inputs found
+IsBefore panel inputs fault (had.Found found) =
+    IsFound panel inputs found × HasLines fault found.lines
 
 -- the refusal is the first fault, and this was read and found before it
 abbrev pub IsRefused : Panel → Inputs → Before → Refusal → Type 0
@@ -54,7 +64,12 @@ IsRefused panel inputs before refusal =
     RefusedFor panel inputs refusal × IsBefore panel inputs refusal.fault before
 
 -- the documents and the evidence show that the delivered files were made as the owners prescribed,
--- or they are refused
+-- and these are the lines of the provenance that are envelopes
+pub record AreGrounds (panel : Panel) (inputs : Inputs) (grounds : Grounds) : Type 0 where
+  pub made : IsMadeBy panel inputs grounds.documents grounds.evidence
+  pub lines : AreLinesOf inputs.provenance grounds.lines
+
+-- the grounds show that the delivered files were made as the owners prescribed, or they are refused
 abbrev pub IsOutcome : Panel → Inputs → Outcome → Type 0
-IsOutcome panel inputs (Made grounds) = IsMadeBy panel inputs grounds.documents grounds.evidence
+IsOutcome panel inputs (Made grounds) = AreGrounds panel inputs grounds
 IsOutcome panel inputs (Refused refusal before) = IsRefused panel inputs before refusal

@@ -2,6 +2,7 @@ pub mod DocumentsHold
 pub mod Evidence
 pub mod Failures
 pub mod Inspections
+pub mod Judging
 pub mod Outcomes
 pub mod Provenance
 pub mod Taking

@@ -5,6 +5,7 @@ use it_base::sequence::Sequence;
 use it_chain::chain::StepResult;
 use it_docs::policy::Policy;
 use it_dsse::envelope::Envelope;
+use it_prov::provenance_lines::ProvenanceLines;
 use it_report::refusal::Refusal;
 
 /// What shows that delivered files were made as the owners prescribed.
@@ -14,6 +15,8 @@ pub struct Grounds {
     pub documents: Documents,
     /// What the layout's steps and inspections recorded.
     pub evidence: Evidence,
+    /// The lines of the provenance that are envelopes.
+    pub lines: ProvenanceLines,
 }
 
 /// What a verification had read where it refused what the layout's envelope holds: a payload of
@@ -34,6 +37,9 @@ pub struct Found {
     /// The records of the layout's steps, in its order, or `None` where something other than rules
     /// over them kept the steps from having any.
     pub steps: Option<Sequence<StepResult>>,
+    /// The lines of the provenance that are envelopes, or `None` where something before the
+    /// provenance was refused.
+    pub lines: Option<ProvenanceLines>,
 }
 
 /// What a verification had before it refused.

@@ -1,8 +1,7 @@
 //! The answer to what was handed in: an output, and what was told before it.
 ghost use Rattle.std.specs.Prelude.{◌≡◌, ◌≤◌, IfOk, IfSome};
 ghost use Rattle.it_report.specs.declared.verdict.Verdict.TheVariants.{Refused};
-ghost use Rattle.it_verify.specs.Grounds.{IsBefore};
-ghost use Rattle.it_verify.specs.Made.{IsMadeBy};
+ghost use Rattle.it_verify.specs.Grounds.{AreGrounds, IsBefore};
 ghost use Rattle.it_verify.specs.RefusedFor.{RefusedFor};
 ghost use Rattle.it_verify.specs.Verdict.{OnAccepted};
 ghost use Rattle.it_member_notes.specs.MemberNotes.{TellsPolicyMembers};
@@ -77,8 +76,7 @@ pub(crate) fn made_answer<'a, C: Checks>(
     found: Option<FoundInDocuments>,
 ) -> Result<Answer<'a>, AllocError>
     requires noted { IfSome noted (TellsPolicyMembers asked.now.inputs.now.policy) }
-    requires made { IsMadeBy (C.panel asked.now.checks.now) asked.now.inputs.now grounds.documents
-        grounds.evidence }
+    requires grounds { AreGrounds (C.panel asked.now.checks.now) asked.now.inputs.now grounds }
     requires found { IfSome found
         (AreFoundInDocuments (C.panel asked.now.checks.now) asked.now.inputs.now) }
     ensures { IfOk result

@@ -1,7 +1,7 @@
 //! What stands behind a delivery that is accepted, for the forms that have it.
 ghost use Rattle.std.specs.Prelude.{IfOk};
 ghost use Rattle.it_evidence.specs.Evidence.{IsBehind};
-ghost use Rattle.it_verify.specs.Made.{IsMadeBy};
+ghost use Rattle.it_verify.specs.Grounds.{AreGrounds};
 ghost use Rattle.it_verify_command.specs.inside.Answer.{IsBehindIn};
 
 use crate::output_form::OutputForm;
@@ -18,8 +18,7 @@ pub(crate) fn behind_in<C: Checks>(
     asked: &Verification<C>,
     grounds: &Grounds,
 ) -> Result<Option<Evidence>, AllocError>
-    requires { IsMadeBy (C.panel asked.now.checks.now) asked.now.inputs.now grounds.now.documents
-        grounds.now.evidence }
+    requires { AreGrounds (C.panel asked.now.checks.now) asked.now.inputs.now grounds.now }
     ensures { IfOk result
         (IsBehindIn asked.now.form.now (C.panel asked.now.checks.now)
         asked.now.vouched.now asked.now.inputs.now) }
@@ -37,8 +36,7 @@ fn behind<C: Checks>(
     asked: &Verification<C>,
     grounds: &Grounds,
 ) -> Result<Evidence, AllocError>
-    requires { IsMadeBy (C.panel asked.now.checks.now) asked.now.inputs.now grounds.now.documents
-        grounds.now.evidence }
+    requires { AreGrounds (C.panel asked.now.checks.now) asked.now.inputs.now grounds.now }
     ensures { IfOk result
         (IsBehind (C.panel asked.now.checks.now) asked.now.vouched.now asked.now.inputs.now) }
 {

@@ -1,7 +1,7 @@
 //! The answer of a strict verification.
 ghost use Rattle.std.specs.Prelude.{◌≡◌, ◌≤◌, IfOk};
 ghost use Rattle.it_strict.specs.Found.{AreFound};
-ghost use Rattle.it_verify.specs.Made.{IsMadeBy};
+ghost use Rattle.it_verify.specs.Grounds.{AreGrounds};
 ghost use Rattle.it_verify_command.specs.Strictly.{IsFoundIn};
 ghost use Rattle.it_verify_command.specs.inside.Answer.{IsStrictAnswer};
 
@@ -75,8 +75,7 @@ fn judged<'a, C: Checks>(
     found: Found,
 ) -> Result<StrictAnswer<'a>, AllocError>
     requires opened { opened.now.inputs.now ≡ asked.now.inputs.now }
-    requires made { IsMadeBy (C.panel asked.now.checks.now) asked.now.inputs.now grounds.documents
-        grounds.evidence }
+    requires grounds { AreGrounds (C.panel asked.now.checks.now) asked.now.inputs.now grounds }
     requires found { AreFound (C.panel asked.now.checks.now) asked.now.inputs.now grounds.documents
         grounds.evidence found }
     ensures { IfOk result

@@ -8,6 +8,7 @@ use Rattle.it_chain.specs.declared.refusal.ChainError.{ChainError}
 use Rattle.it_chain.specs.declared.refusal.ChainRefusal.{ChainRefusal}
 use Rattle.it_dsse.specs.Panel.{Panel}
 use Rattle.it_verify.specs.Documents.{Documents, setting_of}
+use Rattle.it_verify.specs.Grounds.{HasLines}
 use Rattle.it_verify.specs.RefusedFor.{RefusedFor}
 use Rattle.it_verify.specs.Refusals.{refusal_of}
 use Rattle.it_verify.specs.inside.Failures.{RefusedAs, failure_of}
@@ -28,10 +29,11 @@ held_by chain (Some refusal) =
 abbrev pub held : JudgedChain → Result (List StepResult) Ungathered
 held judged = held_by judged.chain judged.failed
 
--- the refusal, if it is one, is the first fault, and these are the records of the steps, where
--- there are any
+-- the refusal, if it is one, is the first fault, and it is no fault for which the lines of the
+-- provenance are read; and these are the records of the steps, where there are any
 pub record IsUngathered (panel : Panel) (inputs : Inputs) (documents : Documents)
     (stopped : Ungathered) : Type 0 where
   pub fails : RefusedAs (RefusedFor panel inputs) stopped.failure
+  pub before_lines : RefusedAs (λ refusal. HasLines refusal.fault None) stopped.failure
   pub steps : IfSome stopped.steps (AreStepRecords (setting_of panel documents) inputs.depth
       documents.layout inputs.links)

@@ -1,7 +1,6 @@
 -- The answers of the functions on provenance.
-use Rattle.std.specs.Prelude.{◌≡◌, ◌⊎◌, ℕ, List, [], ◌∷◌, Option}
+use Rattle.std.specs.Prelude.{◌≡◌, ◌⊎◌, ℕ, List, Option}
 use Rattle.it_digest.specs.declared.compare.DigestSet.{DigestSet}
-use Rattle.it_dsse.specs.Envelope.{EnvelopeOf}
 use Rattle.it_dsse.specs.Panel.{Panel}
 use Rattle.it_dsse.specs.declared.envelope.Envelope.{Envelope}
 use Rattle.it_docs.specs.declared.policy.Expectation.{Expectation}
@@ -10,14 +9,6 @@ use Rattle.it_prov.specs.Finding.{IsFound, IsMissing, NoneFits}
 use Rattle.it_report.specs.declared.refusal.Fault.TheVariants.{NoExpectation, NoProvenance}
 use Rattle.it_report.specs.declared.refusal.Refusal.{Refusal}
 use Rattle.it_verify.specs.Refusals.{whole}
-
--- the envelopes that lines read as, in their order; a line that reads as none is skipped
-abbrev pub AreRead : List (List ℕ) → List Envelope → Type 0
-AreRead [] envelopes = envelopes ≡ []
-AreRead (line ∷ lines) envelopes =
-    ((envelope : Envelope) × (rest : List Envelope) × EnvelopeOf line envelope
-    × (envelopes ≡ envelope ∷ rest) × AreRead lines rest)
-    ⊎ (((envelope : Envelope) → ¬ EnvelopeOf line envelope) × AreRead lines envelopes)
 
 module _ (panel : Panel) (expectations : List Expectation) (envelopes : List Envelope) where
   -- one of the envelopes meets the expectation that speaks of a file

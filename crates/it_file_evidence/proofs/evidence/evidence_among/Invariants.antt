@@ -2,7 +2,7 @@ use Rattle.std.proofs.Common.{◌≡◌, ◌++◌, ℕ, List}
 use Rattle.std.specs.FinMap.{entries}
 use Rattle.it_digest.specs.Artifacts.{path_entries}
 use Rattle.it_digest.specs.declared.compare.DigestSet.{DigestSet}
-use Rattle.it_file_evidence.specs.inside.Lines.{AreReadFrom}
+use Rattle.it_prov.specs.ProvenanceLines.{AreReadFrom}
 use Rattle.it_file_evidence.specs.inside.Proven.{AreEvidence}
 use Rattle.it_file_evidence.proofs.evidence.evidence_among.Given as goal
 

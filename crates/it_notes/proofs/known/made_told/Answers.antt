@@ -7,11 +7,13 @@ returns c = λ panel made are_found.
     record {
       verdict = is_verdict panel c.args.inputs.now grounds.documents grounds.evidence
           c.in_ok-verdict.verdict made c.in_ok-verdict.ensures.verdict;
-      basis = c.known_in.ensures panel (record {
+      basis = c.known_in.ensures.known panel (record {
         read = made.read;
         owners = made.owners;
         steps = tt;
+        lines = tt;
       });
+      lines = rw c.in_ok-verdict.ensures.verdict tt;
       noted = c.requires;
       found = are_found;
     }

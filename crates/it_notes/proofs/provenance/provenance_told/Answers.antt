@@ -11,11 +11,11 @@ returns g c = λ best. record {
   best = best;
   digests = c.in-Some.digests;
   fault_is = refl;
-  is_policy = c.requires.policy;
+  is_policy = c.requires.known.policy;
   fits = rw (← c.as_slice.ensures) c.in-Some-speaking.ensures;
   is_delivered = record {
     delivered = c.args.known.now.delivered;
-    reads = c.requires.delivered;
+    reads = c.requires.known.delivered;
     stands = sym c.get.ensures ∙ c.in-Some.is;
   };
   are_true = rw (← c.as_slice-provenance.ensures) c.in_ok-notes.ensures;
@@ -39,3 +39,6 @@ returns-then-branch g c = λ best. record {
   is_true = rw c.as_slice-provenance.ensures at
       (rw c.if-branch.true at c.in_ok-is_short_envelope.ensures);
 }
+
+pub unreachable-requires : goal.unreachable-requires
+unreachable-requires g c = rw c.in_default.is at c.requires.lines

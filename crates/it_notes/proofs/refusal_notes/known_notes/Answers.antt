@@ -24,3 +24,6 @@ returns-in-NoExpectation g c =
     (λ told each. inl (rw c.in-NoExpectation.is
     (each (g.C.Checks.panel c.args.checks.now) c.in-NoExpectation.field-0)))
     c.patterns_told.ensures
+
+pub provenance_told-requires-clause-lines : goal.provenance_told-requires-clause-lines
+provenance_told-requires-clause-lines g c = rw c.in-NoProvenance.is at c.requires.lines

@@ -1,9 +1,10 @@
-use Rattle.std.proofs.Common.{Some, refl}
+use Rattle.std.proofs.Common.{None, Some, refl}
 use Rattle.it_verify.specs.Documents.{setting_of}
 use Rattle.it_verify.specs.Made.{verdict_of}
 use Rattle.it_verify.specs.declared.grounds.Before.TheVariants.{Found}
+use Rattle.it_verify.specs.declared.grounds.Found.{Found as FoundThings}
 use Rattle.it_verify.proofs.Held.{chain_records}
-use Rattle.it_verify.proofs.Refusing.{refused_after, refused_outcome}
+use Rattle.it_verify.proofs.Refusing.{refused_found, refused_outcome}
 use Rattle.it_verify.proofs.WholeCosting.{files_most, links_most, owners_most, takes_enough}
 use Rattle.it_verify.proofs.verification.outcome_on.Goals as goal
 
@@ -23,12 +24,16 @@ returns-in-Err-gather-clause-outcome g c =
     let before = Found (record {
       documents = c.in-Ok.documents;
       steps = c.in-Err-gather.field-0.steps;
+      lines = None;
     }) in
     let failure = c.in-Err-gather.field-0.failure in
     refused_outcome panel inputs before failure
-    (refused_after panel inputs before
-    (λ fault. record { read = hold.read; owners = hold.owners; steps = stopped.steps })
-    failure stopped.fails)
+    (refused_found panel inputs (record {
+      documents = c.in-Ok.documents;
+      steps = c.in-Err-gather.field-0.steps;
+      lines = None;
+    }) (record { read = hold.read; owners = hold.owners; steps = stopped.steps; lines = tt })
+    failure stopped.fails stopped.before_lines)
     c.refused_with-in-Err-gather.result c.refused_with-in-Err-gather.ensures
 
 pub returns-in-Err-judge-clause-outcome : goal.returns-in-Err-judge-clause-outcome
@@ -38,15 +43,18 @@ returns-in-Err-judge-clause-outcome g c =
     let documents = c.in-Ok.documents in
     let hold = c.in-Ok.ensures.documents in
     let steps = c.in-Ok-gather.evidence.steps in
-    let before = Found (record { documents = documents; steps = Some steps }) in
-    refused_outcome panel inputs before c.in-Err-judge.failure
-    (refused_after panel inputs before
-    (λ fault. record {
+    let stopped = c.in-Err-judge.ensures.made in
+    let lines = c.in-Err-judge.field-0.lines in
+    let failure = c.in-Err-judge.field-0.failure in
+    let found : FoundThings = record { documents = documents; steps = Some steps; lines = lines } in
+    refused_outcome panel inputs (Found found) failure
+    (refused_found panel inputs found (record {
       read = hold.read;
       owners = hold.owners;
       steps = chain_records (setting_of panel documents) inputs.depth documents.layout
           inputs.links steps c.in-Ok-gather.ensures.evidence.steps;
-    }) c.in-Err-judge.failure c.in-Err-judge.ensures.made)
+      lines = stopped.lines;
+    }) failure stopped.fails stopped.has_lines)
     c.refused_with-in-Err-judge.result c.refused_with-in-Err-judge.ensures
 
 pub returns-in-Err-clause-at_most : goal.returns-in-Err-clause-at_most
@@ -70,7 +78,10 @@ returns-in-Err-judge-clause-at_most g c =
     c.gather.new.meter c.gather.ensures.at_most c.judge.new.meter c.judge.ensures.at_most
 
 pub returns-in-Ok-judge-clause-outcome : goal.returns-in-Ok-judge-clause-outcome
-returns-in-Ok-judge-clause-outcome g c = c.in-Ok-judge.ensures.made
+returns-in-Ok-judge-clause-outcome g c = record {
+  made = c.in-Ok-judge.ensures.made;
+  lines = c.in-Ok-judge.ensures.lines;
+}
 
 pub returns-in-Ok-judge-clause-at_most : goal.returns-in-Ok-judge-clause-at_most
 returns-in-Ok-judge-clause-at_most g c =

@@ -8,4 +8,4 @@ returns-in-Made-clause-verdict g c =
     let grounds = c.in-Made.grounds in
     IfOk-weaker c.verdict_of.result _ _
     (λ answer is. is_verdict panel c.args.opened.now.inputs.now grounds.documents grounds.evidence answer
-    (rw c.in-Made.is at c.in_ok-grounds.ensures.outcome) is) c.verdict_of.ensures.verdict
+    (rw c.in-Made.is at c.in_ok-grounds.ensures.outcome).made is) c.verdict_of.ensures.verdict

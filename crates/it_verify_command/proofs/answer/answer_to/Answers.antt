@@ -6,13 +6,14 @@ use Rattle.it_verify_command.proofs.answer.answer_to.Goals as goal
 pub found_in_documents-requires-clause-made : goal.found_in_documents-requires-clause-made
 found_in_documents-requires-clause-made g c =
     let panel = g.C.Checks.panel c.args.asked.now.checks.now in
-    subst (IsOutcome panel c.in_ok-opened.opened.inputs.now) c.in-Made.is c.in_ok-outcome.ensures
+    (subst (IsOutcome panel c.in_ok-opened.opened.inputs.now) c.in-Made.is
+    c.in_ok-outcome.ensures).made
 
 pub made_answer-requires-clause-noted : goal.made_answer-requires-clause-noted
 made_answer-requires-clause-noted g c = rw c.in_ok-opened.ensures at c.noted_on-noted.ensures
 
-pub made_answer-requires-clause-made : goal.made_answer-requires-clause-made
-made_answer-requires-clause-made g c =
+pub made_answer-requires-clause-grounds : goal.made_answer-requires-clause-grounds
+made_answer-requires-clause-grounds g c =
     let panel = g.C.Checks.panel c.args.asked.now.checks.now in
     subst (IsOutcome panel c.args.asked.now.inputs.now) c.in-Made.is
     (rw c.in_ok-opened.ensures at c.in_ok-outcome.ensures)

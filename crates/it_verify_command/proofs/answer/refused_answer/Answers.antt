@@ -5,7 +5,8 @@ answer_on-requires-clause-told g c =
     let panel = g.C.Checks.panel c.args.asked.now.checks.now in
     record {
       verdict = c.requires.refused;
-      basis = c.basis_of.ensures panel c.args.refusal.fault c.requires.before;
+      basis = c.basis_of.ensures.basis panel c.args.refusal.fault c.requires.before;
+      lines = c.basis_of.ensures.lines panel c.args.refusal.fault c.requires.before;
       noted = c.requires.noted;
       found = tt;
     }

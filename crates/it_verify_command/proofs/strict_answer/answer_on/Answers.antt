@@ -7,10 +7,10 @@ use Rattle.it_verify_command.proofs.strict_answer.answer_on.Goals as goal
 pub found_in-requires-clause-made : goal.found_in-requires-clause-made
 found_in-requires-clause-made g c =
     let panel = g.C.Checks.panel c.args.asked.now.checks.now in
-    subst (IsOutcome panel c.args.opened.now.inputs.now) c.in-Made.is c.in_ok-grounds.ensures
+    (subst (IsOutcome panel c.args.opened.now.inputs.now) c.in-Made.is c.in_ok-grounds.ensures).made
 
-pub judged-requires-clause-made : goal.judged-requires-clause-made
-judged-requires-clause-made g c =
+pub judged-requires-clause-grounds : goal.judged-requires-clause-grounds
+judged-requires-clause-grounds g c =
     let panel = g.C.Checks.panel c.args.asked.now.checks.now in
     subst (IsOutcome panel c.args.asked.now.inputs.now) c.in-Made.is
     (rw c.requires.opened at c.in_ok-grounds.ensures)

@@ -10,7 +10,7 @@ made_answer-requires-clause-found g c =
     record {
       documents = c.args.grounds.documents;
       evidence = c.args.grounds.evidence;
-      made = c.requires.made;
+      made = c.requires.grounds.made;
       of_policy = c.args.found.of_policy;
       in_policy = are.policy;
       of_layout = c.args.found.of_layout;
@@ -27,7 +27,7 @@ returns g c = record {
     is_found = record {
       documents = c.args.grounds.documents;
       evidence = c.args.grounds.evidence;
-      made = c.requires.made;
+      made = c.requires.grounds.made;
       are_found = c.requires.found;
     };
     is_nothing = c.is_nothing.ensures.0 c.if-not-is_nothing.false;

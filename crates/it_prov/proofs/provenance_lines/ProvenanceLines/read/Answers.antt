@@ -1,6 +1,6 @@
 use Rattle.std.proofs.Common.{arith}
-use Rattle.it_file_evidence.proofs.ReadLines.{read_kept, read_none}
-use Rattle.it_file_evidence.proofs.lines.read_lines.Goals as goal
+use Rattle.it_prov.proofs.ReadLines.{read_kept, read_none}
+use Rattle.it_prov.proofs.provenance_lines.ProvenanceLines.read.Goals as goal
 
 pub loop-rest-preserved-in_ok-push-2 : goal.loop-rest-preserved-in_ok-push-2
 loop-rest-preserved-in_ok-push-2 c =

@@ -1,6 +1,6 @@
 use Rattle.std.proofs.Common.{◌+◌, ◌≤◌, length}
-use Rattle.it_file_evidence.proofs.ReadLines.{HasRead}
-use Rattle.it_file_evidence.proofs.lines.read_lines.Given as goal
+use Rattle.it_prov.proofs.ReadLines.{HasRead}
+use Rattle.it_prov.proofs.provenance_lines.ProvenanceLines.read.Given as goal
 
 -- the lines so far were read, and each was at least one byte
 abbrev pub invariant-loop-rest : goal.invariant-loop-rest

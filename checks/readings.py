@@ -70,8 +70,13 @@ TREES = (re.compile(r"\bDocumentText::read\("), "it_docs", {
     "crates/it_strict/src/counting.rt": 1,
     # notes on members: those of a layout
     "crates/it_notes/src/layout_notes.rt": 1,
-    # another command: the policy, a layout
+    # notes on what does not read: the policy and a layout, an envelope, a link
+    "crates/it_notes/src/bad_parts.rt": 2,
+    "crates/it_part_notes/src/envelope_part_note.rt": 1,
+    "crates/it_part_notes/src/link_part_note.rt": 1,
+    # another command: the policy, a layout, and notes on one that does not read
     "crates/it_check/src/documents.rt": 2,
+    "crates/it_check/src/part_notes.rt": 2,
 })
 
 

@@ -11,7 +11,7 @@ ghost use Rattle.it_report.specs.Report.{report_of};
 ghost use Rattle.it_report.specs.declared.verdict.Verdict.TheVariants.{Refused as refused_for};
 ghost use Rattle.it_outcome.specs.Outcome.{IsOutputFault};
 
-use crate::documents::{LayoutReading, PolicyReading, layout_given, policy_given};
+use crate::documents::{LayoutReading, PolicyReading, Readings, layout_given, policy_given};
 use crate::finding_lines::push_findings;
 use crate::found::{found_in_layout, found_in_policy};
 use crate::part_notes::write_part_notes;
@@ -56,26 +56,37 @@ pub fn run_check<W: Write, N: Write>(
     ensures memory { IsErrOf result RunFault.OutOfMemory → out.new ≡ out.old }
     ensures faults { IfErr result IsOutputFault }
 {
-    let output = check_output(alloc, policy, layout)?;
-    let outcome = put(out, &output);
+    let checked = checked(alloc, policy, layout)?;
+    let outcome = put(out, &checked.output);
     if outcome.is_ok() {
-        write_part_notes(alloc, policy, layout, notes);
+        write_part_notes(alloc, policy, layout, &checked.readings, notes);
     }
     outcome
 }
 
-/// What the command writes and finds.
-fn check_output(
+/// What the command writes and finds, and what the documents read as.
+#[derive(Drop)]
+struct Checked {
+    /// What it writes and finds.
+    output: Output,
+    /// What the documents read as.
+    readings: Readings,
+}
+
+/// Reads the documents, and says what the command writes and finds.
+fn checked(
     alloc: Global,
     policy: &Option<Sequence<u8>>,
     layout: &Option<Sequence<u8>>,
-) -> Result<Output, AllocError>
-    ensures { IfOk result (λ output. IsCheckOutput policy.now layout.now
-        output.text.items output.status) }
+) -> Result<Checked, AllocError>
+    ensures { IfOk result (λ checked. IsCheckOutput policy.now layout.now
+        checked.output.text.items checked.output.status) }
 {
     let policy = policy_given(alloc, policy)?;
     let layout = layout_given(alloc, layout)?;
-    output_of(alloc, &policy, &layout)
+    let output = output_of(alloc, &policy, &layout)?;
+    let readings = Readings { policy, layout };
+    Ok(Checked { output, readings })
 }
 
 /// What is written and found where the documents read so.

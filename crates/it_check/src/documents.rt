@@ -60,6 +60,15 @@ pub enum LayoutReading {
     Bad(Refusal),
 }
 
+/// What the documents of a check read as, each where it is given.
+#[derive(Drop)]
+pub(crate) struct Readings {
+    /// What the policy reads as.
+    pub policy: Option<PolicyReading>,
+    /// What the layout reads as.
+    pub layout: Option<LayoutReading>,
+}
+
 /// What a policy reads as, where one is given.
 ///
 /// # Errors

@@ -15,6 +15,7 @@ ghost use Rattle.it_notes.specs.NoteLines.{list_words as list_words_of, no_line,
 use crate::lines::Line;
 use crate::notes::RefusalNotes;
 use crate::record_note::push_words;
+use it_borrowed::document_text::DocumentText;
 use it_digest::sums::ListAlgorithm;
 use it_docs::layout_fault::LayoutPart;
 use it_docs::policy_fault::PolicyPart;
@@ -25,6 +26,7 @@ use it_part_notes::part_note::PartNote;
 use it_part_notes::policy_part_note::policy_part_note;
 use it_part_notes::sum_line_note::{SumLineNote, sum_line_note};
 use it_verify::inputs::Inputs;
+use json::Scratch;
 use std::alloc::{AllocError, Global};
 
 /// What is wrong with the policy in its first part that fails.
@@ -36,7 +38,9 @@ pub(crate) fn policy_told(
     ensures { IfOk result
         (λ told. (panel : Panel) → TellsInputs panel inputs.now (BadPolicy part) told) }
 {
-    match policy_part_note(alloc, inputs.policy.as_slice(), part)? {
+    let mut scratch = Scratch::new(alloc);
+    let policy = DocumentText::read(alloc, inputs.policy.as_slice(), &mut scratch)?;
+    match policy_part_note(alloc, &policy, part)? {
         Some(note) => Ok(RefusalNotes::Part(note)),
         None => Ok(RefusalNotes::Nothing),
     }
@@ -99,7 +103,9 @@ pub(crate) fn layout_told(
     ensures { (inputs : Inputs) → EnvelopeOf inputs.layout envelope.now → IfOk result
         (λ told. (panel : Panel) → TellsInputs panel inputs (BadLayout part.now) told) }
 {
-    match layout_part_note(alloc, envelope.payload.as_slice(), part)? {
+    let mut scratch = Scratch::new(alloc);
+    let layout = DocumentText::read(alloc, envelope.payload.as_slice(), &mut scratch)?;
+    match layout_part_note(alloc, &layout, part)? {
         Some(note) => Ok(RefusalNotes::Part(note)),
         None => Ok(RefusalNotes::Nothing),
     }

@@ -6,7 +6,7 @@ use crate::instead::instead_of;
 use crate::members::envelope_members;
 use crate::part_note::{PartNote, PartPlace, Problem};
 use crate::problem::part_note;
-use it_borrowed::document::read_document;
+use it_borrowed::document_text::DocumentText;
 use json::Scratch;
 use std::alloc::{AllocError, Global};
 
@@ -21,24 +21,25 @@ use std::alloc::{AllocError, Global};
 pub fn envelope_part_note(alloc: Global, bytes: &[u8]) -> Result<Option<PartNote>, AllocError>
     ensures { IfOk result (λ found. IfSome found (TellsEnvelope bytes.now)) }
 {
-    let Some(note) = part_note(alloc, bytes, PartPlace::Envelope, envelope_members())? else {
+    let mut scratch = Scratch::new(alloc);
+    let text = DocumentText::read(alloc, bytes, &mut scratch)?;
+    let Some(note) = part_note(alloc, &text, PartPlace::Envelope, envelope_members())? else {
         return Ok(None);
     };
-    match instead_note(alloc, bytes)? {
+    match instead_note(alloc, &text)? {
         Some(other) => Ok(Some(other)),
         None => Ok(Some(note)),
     }
 }
 
-/// Says what the bytes are in place of an envelope, if that is known.
-fn instead_note(alloc: Global, bytes: &[u8]) -> Result<Option<PartNote>, AllocError>
-    ensures { IfOk result (λ found. IfSome found (TellsEnvelope bytes.now)) }
+/// Says what a text is in place of an envelope, if that is known.
+fn instead_note(alloc: Global, text: &DocumentText<'_>) -> Result<Option<PartNote>, AllocError>
+    ensures { IfOk result (λ found. IfSome found (TellsEnvelope text.now)) }
 {
-    let mut scratch = Scratch::new(alloc);
-    let Some(document) = read_document(alloc, bytes, &mut scratch)? else {
+    let Some(document) = text.document() else {
         return Ok(None);
     };
-    let Some(instead) = instead_of(alloc, &document)? else {
+    let Some(instead) = instead_of(alloc, document)? else {
         return Ok(None);
     };
     let place = PartPlace::Envelope;

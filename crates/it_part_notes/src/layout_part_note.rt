@@ -5,6 +5,7 @@ ghost use Rattle.it_part_notes.specs.PartNotes.{TellsLayoutPart, layout_place};
 use crate::members::layout_members;
 use crate::part_note::{PartNote, PartPlace};
 use crate::problem::part_note;
+use it_borrowed::document_text::DocumentText;
 use it_docs::layout_fault::LayoutPart;
 use std::alloc::{AllocError, Global};
 
@@ -19,7 +20,7 @@ use std::alloc::{AllocError, Global};
 /// `AllocError` where memory was refused.
 pub fn layout_part_note(
     alloc: Global,
-    payload: &[u8],
+    payload: &DocumentText<'_>,
     part: &LayoutPart,
 ) -> Result<Option<PartNote>, AllocError>
     ensures { IfOk result (λ found. IfSome found (TellsLayoutPart payload.now part.now)) }

@@ -5,10 +5,11 @@ ghost use Rattle.it_part_notes.specs.PartNotes.{TellsPolicyPart, policy_place};
 use crate::members::policy_members;
 use crate::part_note::{PartNote, PartPlace};
 use crate::problem::part_note;
+use it_borrowed::document_text::DocumentText;
 use it_docs::policy_fault::PolicyPart;
 use std::alloc::{AllocError, Global};
 
-/// Says what is wrong with a part of a policy, in the bytes that were read as one: the first of its
+/// Says what is wrong with a part of a policy, in the text that was read as one: the first of its
 /// members that is wrong, in the order of the format, and in a list of rules the first item that is
 /// not a rule.
 ///
@@ -19,12 +20,12 @@ use std::alloc::{AllocError, Global};
 /// `AllocError` where memory was refused.
 pub fn policy_part_note(
     alloc: Global,
-    bytes: &[u8],
+    text: &DocumentText<'_>,
     part: PolicyPart,
 ) -> Result<Option<PartNote>, AllocError>
-    ensures { IfOk result (λ found. IfSome found (TellsPolicyPart bytes.now part)) }
+    ensures { IfOk result (λ found. IfSome found (TellsPolicyPart text.now part)) }
 {
-    part_note(alloc, bytes, place_of(part), policy_members(part))
+    part_note(alloc, text, place_of(part), policy_members(part))
 }
 
 fn place_of(part: PolicyPart) -> PartPlace

@@ -13,8 +13,9 @@ use crate::member::{Kind, Member};
 use crate::part_note::{Fault, PartNote, PartPlace, Problem};
 use crate::shape::shape_of;
 use it_borrowed::base64_text::base64_part;
-use it_borrowed::document::{is_object, member, read_document};
-use json::{Scratch, Value};
+use it_borrowed::document::{is_object, member};
+use it_borrowed::document_text::DocumentText;
+use json::Value;
 use std::alloc::{AllocError, Global};
 
 /// The note on the object at a place of a document: on the first of these members that is wrong.
@@ -24,19 +25,18 @@ use std::alloc::{AllocError, Global};
 /// `AllocError` where memory was refused.
 pub(crate) fn part_note(
     alloc: Global,
-    bytes: &[u8],
+    text: &DocumentText<'_>,
     place: PartPlace,
     members: &[Member],
 ) -> Result<Option<PartNote>, AllocError>
     ensures { IfOk result (λ found.
-        IfSome found (TellsPart bytes.now place (map shown members.now))) }
+        IfSome found (TellsPart text.now place (map shown members.now))) }
 {
-    let mut scratch = Scratch::new(alloc);
-    let Some(document) = read_document(alloc, bytes, &mut scratch)? else {
-        let flaw = flaw_of(alloc, bytes)?;
+    let Some(document) = text.document() else {
+        let flaw = flaw_of(alloc, text.bytes())?;
         return Ok(no_document(place, flaw));
     };
-    let Some(object) = object_at(&document, place) else {
+    let Some(object) = object_at(document, place) else {
         return Ok(None);
     };
     let Some(problem) = problem_of(alloc, object, members)? else {

@@ -56,7 +56,7 @@ pub fn run_check<W: Write, N: Write>(
     ensures memory { IsErrOf result RunFault.OutOfMemory → out.new ≡ out.old }
     ensures faults { IfErr result IsOutputFault }
 {
-    let checked = checked(alloc, policy, layout)?;
+    let checked = check_documents(alloc, policy, layout)?;
     let outcome = put(out, &checked.output);
     if outcome.is_ok() {
         write_part_notes(alloc, policy, layout, &checked.readings, notes);
@@ -74,7 +74,7 @@ struct Checked {
 }
 
 /// Reads the documents, and says what the command writes and finds.
-fn checked(
+fn check_documents(
     alloc: Global,
     policy: &Option<Sequence<u8>>,
     layout: &Option<Sequence<u8>>,

@@ -1,9 +1,10 @@
 -- The next line of the provenance, and the envelopes of the lines that are left.
-use Rattle.std.proofs.Common.{◌≡◌, ◌∙◌, ◌≤◌, ◌≢◌, ℕ, suc, List, [], ◌∷◌, ⊎_elim, arith, sym}
+use Rattle.std.proofs.Common.{◌≡◌, ◌∙◌, ◌+◌, ◌≤◌, ◌≢◌, ℕ, suc, List, [], ◌∷◌, ⊎_elim, arith, sym}
 use Rattle.std.proofs.Common.{subst}
 use Rattle.it_dsse.specs.Envelope.{EnvelopeOf}
 use Rattle.it_dsse.specs.declared.envelope.Envelope.{Envelope}
 use Rattle.it_prov.specs.ProvenanceLines.{AreReadFrom}
+use Rattle.it_prov_notes.specs.declared.lines_left.LinesLeft.{LinesLeft}
 
 same_head : {X : Type 0} (x y : X) (xs ys : List X) → x ∷ xs ≡ y ∷ ys → x ≡ y
 same_head x y xs ys e = cc
@@ -48,3 +49,11 @@ module _ (first : ℕ) (line : List ℕ) (lines : List (List ℕ)) (envelopes : 
       ))
       (λ x. let after = at_or_after (suc first) lines envelopes places x.1 first later is in
       absurd (omega (arith, after))) are
+
+-- after so many lines and one more
+pub later_left : (number : ℕ) (lines : List (List ℕ)) (left : LinesLeft)
+    → AreReadFrom (suc (number + 1)) lines left.envelopes.now left.places.now
+    → AreReadFrom (number + 1 + 1) lines left.envelopes.now left.places.now
+later_left number lines left are =
+    let same : suc (number + 1) ≡ number + 1 + 1 = omega arith in
+    subst (λ first. AreReadFrom first lines left.envelopes.now left.places.now) same are

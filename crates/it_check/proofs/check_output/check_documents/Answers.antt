@@ -1,4 +1,4 @@
-use Rattle.it_check.proofs.check_output.checked.Goals as goal
+use Rattle.it_check.proofs.check_output.check_documents.Goals as goal
 
 pub returns : goal.returns
 returns c = record {

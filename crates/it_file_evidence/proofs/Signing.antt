@@ -14,7 +14,7 @@ use Rattle.it_dsse.specs.declared.envelope.Signature.{Signature}
 use Rattle.it_dsse.specs.declared.key_object.KeyObject.{KeyObject}
 use Rattle.it_identity.specs.Name.{number_of}
 use Rattle.it_prov.specs.Meets.{SignedByBuilder}
-use Rattle.it_prov.proofs.Entries.{entry_known}
+use Rattle.it_digest.proofs.Entries.{entry_known}
 use Rattle.it_vouched.specs.Check.{vouched_check}
 use Rattle.it_vouched.specs.ObjectIdentity.{describes}
 use Rattle.it_vouched.specs.declared.vouched.Vouched.{Vouched}

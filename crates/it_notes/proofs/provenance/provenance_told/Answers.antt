@@ -1,4 +1,4 @@
-use Rattle.std.proofs.Common.{◌∙◌, arith, refl, sym}
+use Rattle.std.proofs.Common.{◌∙◌, arith, refl, sym, true≢false}
 use Rattle.std.proofs.lemmas.List.{nil_from_length}
 use Rattle.std.proofs.lemmas.Bool.Decides.{nat_tests}
 use Rattle.it_notes.proofs.provenance.provenance_told.Goals as goal
@@ -9,14 +9,14 @@ returns g c = λ best. record {
   expectation = c.in-Some-speaking.expectation.now;
   path = c.args.path.now;
   best = best;
-  digests = c.in-Some.digests;
+  digests = c.in-Some-get.digests;
   fault_is = refl;
   is_policy = c.requires.known.policy;
   fits = rw (← c.as_slice.ensures) c.in-Some-speaking.ensures;
   is_delivered = record {
     delivered = c.args.known.now.delivered;
     reads = c.requires.known.delivered;
-    stands = sym c.get.ensures ∙ c.in-Some.is;
+    stands = sym c.get.ensures ∙ c.in-Some-get.is;
   };
   are_true = rw (← c.as_slice-provenance.ensures) c.in_ok-notes.ensures;
 }
@@ -41,4 +41,4 @@ returns-then-branch g c = λ best. record {
 }
 
 pub unreachable-requires : goal.unreachable-requires
-unreachable-requires g c = rw c.in_default.is at c.requires.lines
+unreachable-requires g c = true≢false (sym (rw c.in_default.is at c.requires.lines))
